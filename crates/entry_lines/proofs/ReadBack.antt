@@ -1,5 +1,5 @@
 -- The words of a kind are read as that kind.
--- Cited by `meant`, `PlainWords`, `run_log`.
+-- Cited by `meant`, `PlainWords`, `event_text`, `run_log`.
 use Rattle.std.proofs.Common.{◌≡◌, ◌<◌, ◌≤◌, ◌^◌, ℕ, true, false, List, ◌∷◌, None, Some, length, map, refl, arith}
 use Rattle.std.specs.Fmt.{decimal}
 use Rattle.std.specs.Prelude.{codes}

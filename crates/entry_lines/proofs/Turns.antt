@@ -1,5 +1,5 @@
 -- A loop over an iterator that gives a known list. What the loop knows of its steps comes first, and the list last.
--- Cited by `plain_words`, `app_streams`, `run_log`.
+-- Cited by `plain_words`, `app_streams`, `event_text`, `run_log`.
 use Rattle.std.proofs.Common.{◌≡◌, ◌<◌, List, length, get_or, map, Option, Some, None}
 use Rattle.std.specs.Iterator.{Yields}
 use Rattle.std.proofs.lemmas.Iterator.{YieldsList}

@@ -1,5 +1,5 @@
 -- The verdict on a log.
--- Cited by `check_log`, `check_prefix`, `follow_all`, `env_explain`.
+-- Cited by `check_log`, `check_prefix`, `follow_all`, `env_explain`, `open_check`, `order_explain`.
 use Rattle.std.proofs.Common.{◌≡◌, ◌↔◌, ℕ, ◌+◌, ◌<◌, ◌≤◌, ◌^◌, Bool, true, false, cond, List, [], ◌∷◌, ◌++◌, length, take}
 use Rattle.std.proofs.Common.{drop, get_or, refl, sym, ap, ◌∙◌, append_assoc, append-nil, Option, Some, None, arith}
 use Rattle.std.proofs.lemmas.List.{length-take-le, take-append-drop, take_all, take_more}

@@ -1,5 +1,5 @@
 -- What a script gives in a legal history: what its actions and steps are, and who runs and holds what.
--- Cited by `Acts`, `Declared`, `Scopes`, `Wanted`, `log_replay`, `seat_hand`.
+-- Cited by `Acts`, `Declared`, `Scopes`, `Wanted`, `env_step`.
 use Rattle.hist_model.proofs.Laws.Consistent.{legal_is_consistent}
 use Rattle.pool_laws.specs.Runs.{RunsAs}
 use Rattle.hist_model.specs.Legal.{IsLegal}

@@ -1,5 +1,5 @@
 -- What may not come where it is waited for; and who waits may enter nothing.
--- Cited by `who_waits_may_enter_nothing`, `env_explain`, `log_replay`.
+-- Cited by `who_waits_may_enter_nothing`, `env_step`.
 use Rattle.std.proofs.Common.{◌≡◌, ℕ, ◌≤◌, Bool, true, false, List, [], ◌∷◌, length, Option, Some, None, refl, sym, subst, arith, ◌∙◌}
 use Rattle.std.proofs.lemmas.Bool.{and_left, and_parts, and_right, eqb-true, false_from_ne_true, ne_eqb, or_parts, true≢false}
 use Rattle.std.specs.List.{list_all, list_any}

@@ -1,5 +1,5 @@
 -- An entry that the script wants next, or that is the next act step of a task, may come where its machine's rule holds.
--- Cited by 8 functions of `Env`, `Acts`, `Declared`, `Entries`, `JobCalls`, `JobEntries`, `Taking`, `log_replay`.
+-- Cited by 8 functions of `Env`, `Acts`, `Declared`, `Entries`, `JobCalls`, `JobEntries`, `Taking`.
 use Rattle.hist_model.proofs.Laws.Progress.Pump.{none_open}
 use Rattle.hist_model.proofs.Laws.Wants.{by_next, driver_holds_nothing, driver_runs_nothing}
 use Rattle.call_laws.proofs.Idle.{free_where_none_runs}

@@ -1,5 +1,5 @@
 -- Where a log goes wrong, and what is left at its end.
--- Cited by `left`, `next_of_seat`, `explain_at`, `explain_log`, `explain_prefix`.
+-- Cited by `left`, `next_of_seat`, `explain_at`, `explain_log`, `explain_prefix`, `open_explain`.
 use Rattle.std.proofs.Common.{◌≡◌, ◌↔◌, inl, inr, ℕ, zero, suc, ◌+◌, ◌<◌, ◌≤◌, Bool, true, false, List, ◌∷◌}
 use Rattle.std.proofs.Common.{length, take, refl, sym, ap, subst, ◌∙◌, Option, Some, None, arith}
 use Rattle.std.proofs.Math.Seq.{take-append_seam}

@@ -1,5 +1,5 @@
 -- Where a seat waits, the rules allow no entry of it.
--- Cited by `Behind`.
+-- Cited by `Behind`, `env_explain`.
 use Rattle.std.proofs.Common.{◌≡◌, ℕ, true, false, List, sym, subst, ◌∙◌, inl, inr, ⊎_elim}
 use Rattle.std.proofs.lemmas.Bool.{both_ways, false_from_ne_true}
 use Rattle.std.proofs.lemmas.Option.{none-some}

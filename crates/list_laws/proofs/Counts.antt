@@ -1,6 +1,7 @@
 -- How many elements pass a test.
--- Cited by `Pigeons`, `Places`, `Ranges`, `Sorts`, `env_core`, `hist_model`, `job_source`, `nested_loop`, `pool_core`, `pool_laws`,
--- `queue_laws`, `queue_selector`, `run_summary`, `script_model`, `sequence_manager`, `task_reply`, `task_script`, `thread_group`.
+-- Cited by `Pigeons`, `Places`, `Ranges`, `Sorts`, `env_core`, `hist_model`, `job_source`, `live_core`, `log_context`, `log_count`,
+-- `nested_loop`, `open_explain`, `pool_core`, `pool_laws`, `queue_laws`, `queue_selector`, `run_summary`, `script_model`,
+-- `sequence_manager`, `situation`, `task_reply`, `task_script`, `thread_group`.
 use Rattle.std.proofs.Common.{◌≡◌, ℕ, zero, suc, ◌+◌, ◌<◌, ◌≤◌, Bool, true, false, cond, List, [], ◌∷◌, ◌++◌, length, get_or, set, refl, sym, ap, ◌∙◌, arith}
 use Rattle.std.specs.Prelude.{◌||◌, filter, not}
 use Rattle.std.specs.List.{list_any, AllByRecursion}

@@ -1,7 +1,8 @@
 -- What holds of the elements of a list.
 -- Cited by `Counts`, `Made`, `Members`, `Pigeons`, `Places`, `Rises`, `Sorts`, `delayed_manager`, `env_core`, `env_crew`, `env_roster`,
--- `env_threads`, `hist_model`, `nested_loop`, `next_entry`, `pool_core`, `pool_laws`, `queue_laws`, `queue_selector`, `run_summary`,
--- `script_model`, `sequence_manager`, `task_reply`, `task_script`, `turn_table`, `work_queue`, `worked_parts`.
+-- `env_threads`, `hist_model`, `live_core`, `live_roster`, `log_context`, `log_count`, `nested_loop`, `next_entry`, `order_search`,
+-- `pool_core`, `pool_laws`, `queue_laws`, `queue_selector`, `run_summary`, `script_model`, `sequence_manager`, `situation`, `task_reply`,
+-- `task_script`, `told_context`, `turn_table`, `work_queue`, `worked_parts`.
 use Rattle.std.proofs.Common.{◌≡◌, ℕ, zero, suc, ◌<◌, Bool, true, false, cond, List, [], ◌∷◌, ◌++◌, length, map}
 use Rattle.std.proofs.Common.{append_assoc, get_or, refl, sym, ◌∙◌, Option, Some, None, arith, subst}
 use Rattle.std.specs.Prelude.{filter, slice_get, Contains}

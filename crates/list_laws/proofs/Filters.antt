@@ -1,6 +1,6 @@
 -- What a test keeps of a list, and what is made of its elements.
--- Cited by `Counts`, `Made`, `Pigeons`, `Rises`, `Sorts`, `env_core`, `env_explain`, `hist_model`, `nested_loop`, `pool_core`, `pool_laws`,
--- `queue_laws`, `queue_selector`, `run_summary`, `sequence_manager`.
+-- Cited by `Counts`, `Made`, `Pigeons`, `Rises`, `Sorts`, `env_core`, `env_explain`, `hist_model`, `log_count`, `nested_loop`,
+-- `order_search`, `pool_core`, `pool_laws`, `queue_laws`, `queue_selector`, `run_summary`, `sequence_manager`, `situation`.
 use Rattle.std.proofs.Common.{◌≡◌, Bool, true, false, cond, List, [], ◌∷◌, ◌++◌, map, refl, sym, ap, ◌∙◌, Option, Some, None}
 use Rattle.std.proofs.lemmas.List.Elements.{filter-append}
 use Rattle.std.specs.Prelude.{◌&&◌, filter}

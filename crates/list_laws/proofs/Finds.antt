@@ -1,6 +1,6 @@
 -- What is found and counted in a list.
--- Cited by `Made`, `env_core`, `hist_model`, `job_source`, `line_places`, `line_words`, `nested_loop`, `next_entry`, `pool_core`,
--- `run_summary`, `sequence_manager`, `value_words`.
+-- Cited by `Made`, `env_core`, `hist_model`, `job_source`, `line_places`, `line_words`, `live_core`, `log_count`, `nested_loop`,
+-- `next_entry`, `pool_core`, `run_summary`, `sequence_manager`, `situation`, `value_words`.
 use Rattle.std.proofs.Common.{◌≡◌, ℕ, ◌≤◌, Bool, true, false, cond, List, [], ◌∷◌, length, refl, sym, ap, ◌∙◌, Some, None, arith}
 use Rattle.std.specs.Prelude.{filter, find, is_some, Contains, position, nat_lt}
 use Rattle.std.specs.List.{AllByRecursion, position_or_len}

@@ -1,6 +1,6 @@
 -- What is in a filtered list, in what is made of a list, and in a row of numbers.
 -- Cited by `Rises`, `env_core`, `env_explain`, `hist_model`, `nested_loop`, `next_entry`, `pool_laws`, `queue_laws`, `run_summary`,
--- `sequence_manager`.
+-- `sequence_manager`, `situation`.
 use Rattle.std.proofs.Common.{false, ◌≡◌, ℕ, ◌<◌, Bool, true, List, [], ◌∷◌, length, refl, ap, ◌∙◌, Option, Some, None, arith, inl, inr, suc, zero}
 use Rattle.std.specs.Prelude.{filter, Contains, not, ◌&&◌, ◌⊎◌}
 use Rattle.std.specs.Option.{IfSome}

@@ -1,5 +1,6 @@
 -- Lemmas on options, and on the first place in a list at which a test passes.
--- Cited by `app_modes`, `env_core`, `env_roster`, `hist_model`, `past_lookup`, `pool_core`, `pool_laws`, `queue_laws`, `queue_selector`.
+-- Cited by `app_modes`, `env_core`, `env_roster`, `hist_model`, `live_core`, `live_roster`, `past_lookup`, `pool_core`, `pool_laws`,
+-- `queue_laws`, `queue_selector`, `situation`.
 use Rattle.std.proofs.Common.{◌≡◌, ℕ, suc, ◌+◌, ◌<◌, Bool, true, false, cond, List, [], ◌∷◌, ◌++◌, length, refl, ap, ◌∙◌, Option, Some, None, arith}
 use Rattle.std.specs.Option.{option_map, option_or}
 use Rattle.std.specs.List.{list_any, position_from, AllByRecursion}

@@ -1,7 +1,7 @@
 -- The pigeonhole: where each pigeon is in some hole, and no hole has two of them, there are no more pigeons than holes.
 -- So, where an element has at most one number, and there are fewer elements than numbers, the first number that no
 -- element has is found.
--- Cited by `pool_core`, `pool_laws`, `run_summary`, `sequence_manager`, `task_script`.
+-- Cited by `log_moves`, `pool_core`, `pool_laws`, `run_summary`, `sequence_manager`, `task_script`.
 use Rattle.std.proofs.Common.{◌≡◌, ℕ, zero, suc, ◌+◌, ◌<◌, ◌≤◌, Bool, true, false, cond, List, []}
 use Rattle.std.proofs.Common.{◌∷◌, length, refl, ap, ◌∙◌, Option, Some, None, inl, inr, arith}
 use Rattle.std.specs.Prelude.{not, ◌||◌, ◌&&◌, ◌⊎◌, filter, find}

@@ -1,6 +1,7 @@
 -- Elements of joined lists by their index, one more element at the end, and tests that no element passes.
--- Cited by `env_core`, `env_crew`, `env_roster`, `env_threads`, `hist_model`, `log_replay`, `nested_loop`, `pool_core`, `pool_laws`,
--- `run_summary`, `script_model`, `seat_hand`, `sequence_manager`, `task_reply`, `task_script`, `trace_json`.
+-- Cited by `call_laws`, `env_core`, `env_crew`, `env_roster`, `env_shared`, `env_step`, `env_threads`, `hist_model`, `live_core`,
+-- `live_roster`, `log_context`, `log_count`, `log_replay`, `nested_loop`, `order_explain`, `order_search`, `pool_core`, `pool_laws`,
+-- `run_summary`, `script_model`, `sequence_manager`, `situation`, `task_reply`, `task_script`, `trace_json`.
 use Rattle.std.proofs.lemmas.List.{get_or-set_same, length-set}
 use Rattle.std.proofs.Common.{◌≡◌, ℕ, zero, suc, ◌+◌, ◌<◌, ◌≤◌, Bool, true, false, cond, List, [], ◌∷◌}
 use Rattle.std.proofs.Common.{◌++◌, length, refl, ◌∙◌, ◌⊎◌, inl, inr, Some, arith, replicate, ap}

@@ -1,5 +1,7 @@
 -- The numbers of a row.
--- Cited by `Made`, `Pigeons`, `env_core`, `env_explain`, `hist_model`, `pool_core`, `pool_laws`, `run_summary`.
+-- Cited by `Made`, `Pigeons`, `call_laws`, `env_core`, `env_explain`, `hist_model`, `live_core`, `log_context`, `log_count`, `log_moves`,
+-- `next_entry`, `open_explain`, `order_answer`, `pool_core`, `pool_laws`, `run_summary`, `simulation`, `situation`, `told_context`,
+-- `wide_script`.
 use Rattle.std.proofs.Common.{◌≡◌, ℕ, zero, suc, ◌+◌, ◌<◌, ◌≤◌, Bool, true, false, eqb, ◌∷◌, ◌++◌, refl, sym, ap, ◌∙◌, inl, inr, arith}
 use Rattle.std.specs.Prelude.{◌||◌, ◌⊎◌}
 use Rattle.std.specs.List.{list_any, list_all, range_with_len, AllByRecursion}

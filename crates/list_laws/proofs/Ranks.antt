@@ -1,6 +1,6 @@
 -- Tests that rank.
 -- Cited by `Sorts`, `delayed_manager`, `hist_model`, `nested_loop`, `pool_laws`, `queue_laws`, `queue_selector`, `sequence_manager`,
--- `sequence_queue`.
+-- `sequence_queue`, `situation`.
 use Rattle.std.proofs.Common.{◌≡◌, ℕ, ◌<◌, Bool, true, false, eqb, refl, sym, ap, ◌∙◌, inl, inr, arith}
 use Rattle.std.specs.Prelude.{◌&&◌, ◌||◌, ◌⊎◌, nat_lt}
 use Rattle.std.proofs.lemmas.Bool.{ne_eqb, eq-eqb, true≢false, lt-ltb, le-ltb, cases_order}

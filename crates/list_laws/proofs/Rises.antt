@@ -1,5 +1,5 @@
 -- Lists that rise: two of the same members are one, so a sort depends on the members alone.
--- Cited by `nested_loop`, `pool_core`, `queue_selector`, `sequence_manager`.
+-- Cited by `nested_loop`, `pool_core`, `queue_selector`, `sequence_manager`, `situation`.
 use Rattle.list_laws.proofs.Elements.{AllByRecursion-append, AllByRecursion-at, AllByRecursion-both, AllByRecursion-contains, AllByRecursion-contains_itself}
 use Rattle.list_laws.proofs.Elements.{AllByRecursion-filter, AllByRecursion-front, AllByRecursion-map}
 use Rattle.list_laws.proofs.Filters.{filter_all, filter_passes}

@@ -1,6 +1,6 @@
 -- A sort keeps the elements and puts them in order; the first of a list that rises is its least.
 -- Cited by `Rises`, `delayed_manager`, `nested_loop`, `pool_core`, `pool_laws`, `queue_laws`, `queue_selector`, `sequence_manager`,
--- `work_queue`.
+-- `situation`, `work_queue`.
 use Rattle.std.proofs.Common.{◌≡◌, ◌+◌, Bool, true, false, cond, List, [], ◌∷◌, ◌++◌, length, map}
 use Rattle.std.proofs.Common.{refl, sym, ap, ◌∙◌, Option, Some, None, inl, inr, arith, subst}
 use Rattle.std.specs.Prelude.{◌⊎◌, filter, find, Contains}

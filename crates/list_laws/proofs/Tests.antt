@@ -1,6 +1,6 @@
 -- Whether all pass a test, whether one does, and the first that does.
--- Cited by `Pigeons`, `Sorts`, `env_core`, `hist_model`, `nested_loop`, `pool_core`, `pool_laws`, `queue_selector`, `run_summary`,
--- `sequence_manager`, `task_script`.
+-- Cited by `Pigeons`, `Sorts`, `env_core`, `hist_model`, `live_core`, `log_count`, `nested_loop`, `order_search`, `pool_core`, `pool_laws`,
+-- `queue_selector`, `run_summary`, `sequence_manager`, `situation`, `task_script`.
 use Rattle.std.proofs.Common.{◌≡◌, Bool, true, false, cond, List, [], ◌∷◌, refl, sym, Some, None}
 use Rattle.std.specs.Prelude.{◌&&◌, ◌||◌, find}
 use Rattle.std.specs.List.{list_any, list_all, AllByRecursion}

@@ -1,7 +1,7 @@
 -- Equal numbers and options.
--- Cited by `Least`, `Pigeons`, `Rises`, `Sorts`, `env_core`, `env_crew`, `env_roster`, `lint_laws`, `log_replay`, `nested_loop`,
--- `next_entry`, `pool_core`, `pool_laws`, `queue_laws`, `queue_selector`, `run_summary`, `script_model`, `seat_hand`, `sequence_manager`,
--- `task_script`, `task_sequence`, `worked_calls`.
+-- Cited by `Least`, `Pigeons`, `Rises`, `Sorts`, `env_core`, `env_crew`, `env_roster`, `env_shared`, `env_step`, `lint_laws`, `live_core`,
+-- `live_roster`, `nested_loop`, `next_entry`, `pool_core`, `pool_laws`, `queue_laws`, `queue_selector`, `run_summary`, `script_model`,
+-- `sequence_manager`, `task_script`, `task_sequence`, `worked_calls`.
 use Rattle.std.proofs.Common.{◌≡◌, ℕ, true, eqb, ap, Some, arith}
 use Rattle.std.specs.Option.{option_map_or}
 

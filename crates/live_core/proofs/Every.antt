@@ -1,5 +1,5 @@
 -- Each entry that may come in an open plan is one of a call.
--- Cited by `calls_are_exact`, `open_check`.
+-- Cited by `calls_are_exact`, `open_check`, `open_explain`.
 use Rattle.std.proofs.Common.{◌≡◌, ℕ, ◌≤◌, Bool, true, false, cond, List, refl, sym, inl, inr, arith}
 use Rattle.std.specs.Prelude.{◌==◌, nat_le}
 use Rattle.std.proofs.lemmas.Bool.{and_parts, cases_lt, eqb-false, eqb-true, leb-true}

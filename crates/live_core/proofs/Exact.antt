@@ -1,5 +1,5 @@
 -- What may come of a call, the call makes, unless there is no room.
--- Cited by `laws.rt`, `open_check`.
+-- Cited by `laws.rt`, `open_check`, `open_explain`.
 use Rattle.std.proofs.Common.{◌≡◌, None, true, false, List, length, ap, sym, ◌∙◌, Result, Ok, Err, ◌⊎◌, inl, inr, ⊎_elim}
 use Rattle.std.specs.Prelude.{◌&&◌, ◌==◌, is_none, nat_le}
 use Rattle.std.proofs.lemmas.Bool.{and_parts, both_ways, eqb-true, false_from_ne_true, or_cases}

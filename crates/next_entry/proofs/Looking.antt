@@ -1,5 +1,5 @@
 -- What a seat runs or holds, one entry further, and whether some seat passes a test.
--- Cited by `holding`, `running`, `runs_sequence`, `open_explain`.
+-- Cited by `holding`, `running`, `runs_sequence`.
 use Rattle.std.proofs.Common.{◌≡◌, ℕ, ◌+◌, ◌<◌, Bool, false, List, [], ◌∷◌, length, Option, get_or, take, refl, sym, ap, ◌∙◌, arith}
 use Rattle.std.proofs.lemmas.List.{take_more}
 use Rattle.std.proofs.lemmas.List.Folds.{list_any-append}

@@ -1,5 +1,5 @@
 -- The number that decimal digits write, a digit at a time.
--- Cited by `value_of`, `Numbers`, `entry_lines`.
+-- Cited by `value_of`, `Numbers`, `entry_lines`, `event_text`.
 use Rattle.std.proofs.Common.{◌≡◌, ℕ, ◌^◌, ◌<◌, ◌≤◌, true, List, length, get_or, take, IsTrue, None, refl, arith, rules, tests}
 use Rattle.std.specs.Char.{is_ascii_digit}
 use Rattle.std.specs.Str.{all_ascii_digits}

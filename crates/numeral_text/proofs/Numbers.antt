@@ -1,5 +1,5 @@
 -- The number that a word writes.
--- Cited by `number_64`, `sum_of_few`, `sum_of_many`, `entry_lines`.
+-- Cited by `number_64`, `sum_of_few`, `sum_of_many`, `entry_lines`, `event_text`.
 use Rattle.std.proofs.Common.{◌≡◌, ◌≢◌, ℕ, zero, suc, ◌<◌, ◌≤◌, ◌+◌, ◌*◌, ◌^◌, List, [], ◌∷◌, length, get_or, drop}
 use Rattle.std.proofs.Common.{Option, Some, None, IfSome, drop-cons, refl, sym, ap, ◌∙◌, ◌⊎◌, inl, inr, arith}
 use native.Mathlib.Nat.{pow-le-pow_right}

@@ -1,5 +1,5 @@
 -- A log that is followed by the calls of its entries.
--- Cited by `check_open`, `check_open_prefix`, `follow_all`, `follow_entry`.
+-- Cited by `check_open`, `check_open_prefix`, `follow_all`, `follow_entry`, `open_explain`.
 use Rattle.std.proofs.Common.{◌≡◌, ℕ, ◌+◌, ◌<◌, ◌≤◌, Bool, true, false, cond, List, [], ◌∷◌, ◌++◌, length, take, drop, get_or, refl, sym, ap, subst, ◌∙◌}
 use Rattle.std.proofs.Common.{append_assoc, Option, Some, None, Result, Ok, Err, ⊎_elim, inl, inr, arith}
 use Rattle.std.specs.Prelude.{◌&&◌, ◌==◌, is_none, nat_le}

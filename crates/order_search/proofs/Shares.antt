@@ -1,5 +1,5 @@
 -- Events that have of each seat the first ones of others.
--- Cited by `Merged`, `Steps`.
+-- Cited by `Merged`, `Steps`, `order_answer`.
 use Rattle.std.proofs.Common.{◌≡◌, ℕ, suc, ◌≤◌, eqb, List, [], ◌∷◌, ◌++◌, length, arith, refl, subst, sym, ap, ◌∙◌, inl, inr}
 use Rattle.std.specs.Prelude.{◌⊎◌}
 use Rattle.std.proofs.lemmas.Bool.{cases_eq}

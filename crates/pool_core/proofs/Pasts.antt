@@ -1,6 +1,6 @@
 -- What the pool knows of a past stays true with one more entry.
 -- Cited by `Calls/EmptyPool`, `Calls/Ends`, `Calls/Others`, `Calls/Posts`, `Calls/Reprio`, `Calls/Scopes`, `Calls/Shutdown`, `Calls/Takes`,
--- `Calls/Ticks`, `Jobs/JobStands`, `Jobs/JobSteps`.
+-- `Calls/Ticks`, `Jobs/JobStands`, `Jobs/JobSteps`, `live_core`.
 use Rattle.pool_laws.specs.Runs.{moves_runs, run_parts, RunsSingly}
 use Rattle.pool_laws.proofs.Seats.Runs.{none_moved, singly_at_end, singly_at_start, singly_at_take, singly_kept}
 use Rattle.list_laws.proofs.Elements.{AllByRecursion-append}

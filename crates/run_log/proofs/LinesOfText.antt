@@ -1,5 +1,5 @@
 -- How a text falls into lines.
--- Cited by `entries_of`, `first_feed`, `line_end`, `Beginnings`, `LogLines`, `SplitLines`, `app_streams`.
+-- Cited by `entries_of`, `first_feed`, `line_end`, `Beginnings`, `LogLines`, `SplitLines`, `app_streams`, `event_text`.
 use Rattle.std.proofs.Common.{◌≡◌, ◌≢◌, ◌<◌, ◌+◌, ℕ, zero, suc, min, Bool, eqb, List, [], ◌∷◌, ◌++◌, length}
 use Rattle.std.proofs.Common.{take, drop, Option, Some, None, refl, ◌∙◌, inl, inr, arith, length-take-le}
 use Rattle.std.specs.List.{IsFirstMatchOrLen, concat, onto_first, position, position_or_len}

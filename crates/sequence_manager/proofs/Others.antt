@@ -1,5 +1,5 @@
 -- Entries that are not of the main queues.
--- Cited by `other_entries_keep_the_main_queues`, `Closes`, `DelayedPosts`, `Fences`, `Posts`, `Ranks`, `env_core`.
+-- Cited by `other_entries_keep_the_main_queues`, `Closes`, `DelayedPosts`, `Fences`, `Posts`, `Ranks`, `env_core`, `live_core`.
 use Rattle.std.proofs.Common.{◌≡◌, ℕ, ◌<◌, ◌≤◌, true, false, List, [], ◌∷◌, ◌++◌, length, refl, sym, ap, ◌∙◌, subst, arith}
 use Rattle.std.proofs.lemmas.Bool.{ne_eqb, not-true}
 use Rattle.std.proofs.lemmas.Grind.{length_at_push}

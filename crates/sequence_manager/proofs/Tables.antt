@@ -1,5 +1,5 @@
 -- Lists that say at each place what is so there.
--- Cited by `AtStart`, `DelayedPosts`, `Ends`, `Fences`, `Parts`, `Posts`, `Ranks`, `Refreshing`, `Ripens`, `Takes`.
+-- Cited by `AtStart`, `DelayedPosts`, `Ends`, `Fences`, `Parts`, `Posts`, `Ranks`, `Refreshing`, `Ripens`, `Takes`, `live_core`.
 use Rattle.std.proofs.Common.{◌≡◌, ℕ, ◌<◌, List, length, map, sym, ap, ◌∙◌, Some, inl, inr, arith}
 use Rattle.std.specs.Prelude.{◌⊎◌, slice_get, slice_set}
 use Rattle.std.proofs.lemmas.Bool.{cases_eq}

@@ -1,5 +1,5 @@
 -- A task of a parallel runner finds 0: until it is taken its cell is as it was.
--- Cited by `Ways`.
+-- Cited by `Ways`, `log_count`.
 use Rattle.std.proofs.Common.{◌≡◌, ℕ, ◌+◌, ◌<◌, ◌≤◌, Bool, true, false, cond, eqb, List, length, refl, sym, ap, subst, ◌∙◌, Option, Some, None, arith}
 use Rattle.std.specs.Prelude.{not, slice_get}
 use Rattle.std.proofs.lemmas.Bool.{and_parts, eqb-true, or_parts, both_ways, not-true}

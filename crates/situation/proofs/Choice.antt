@@ -1,5 +1,5 @@
 -- Pasts in the same situation have the same best sources.
--- Cited by `Counts`, `Onward/Tasks`, `Ways`.
+-- Cited by `Counts`, `Onward/Tasks`, `Ways`, `log_count`.
 use Rattle.std.proofs.Common.{◌≡◌, ℕ, ◌+◌, ◌<◌, Bool, true, false, cond, eqb, List, [], ◌∷◌, length, refl, sym, ap, subst, ◌∙◌, Option, Some, None, arith}
 use Rattle.std.specs.Prelude.{◌&&◌, ◌||◌, not, nat_lt, nat_le, is_none, Contains}
 use Rattle.std.specs.Option.{option_map}

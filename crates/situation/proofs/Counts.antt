@@ -1,5 +1,5 @@
 -- Pasts in the same situation have as many futures.
--- Cited by `moves.rt`.
+-- Cited by `moves.rt`, `log_count`.
 use Rattle.std.proofs.Common.{◌≡◌, ℕ, zero, suc, ◌+◌, Bool, true, false, cond, leb, List, [], ◌∷◌, ◌++◌, length, refl, sym, ap, ◌∙◌, Option, Some, None}
 use Rattle.std.specs.Prelude.{flat_map}
 use Rattle.std.specs.Option.{option_map}

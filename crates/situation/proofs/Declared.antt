@@ -1,5 +1,5 @@
 -- In a legal past of a sound script entries name what is declared, and of what is not declared nothing is known.
--- Cited by `Cells`, `Same`.
+-- Cited by `Cells`, `Same`, `log_count`.
 use Rattle.std.proofs.Common.{◌≡◌, ℕ, ◌+◌, ◌<◌, ◌≤◌, Bool, true, false, cond, eqb, List, [], ◌∷◌, ◌++◌, length, refl, sym, ap, subst, ◌∙◌, Option, Some, None}
 use Rattle.std.proofs.Common.{arith, ⊎_elim}
 use Rattle.std.specs.Prelude.{◌||◌}

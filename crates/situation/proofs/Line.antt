@@ -1,5 +1,5 @@
 -- The line of the pool.
--- Cited by `Choice`, `Onward/Line`.
+-- Cited by `Choice`, `Onward/Line`, `log_count`.
 use Rattle.std.proofs.Common.{◌≡◌, ℕ, ◌<◌, Bool, true, false, cond, eqb, List, [], ◌∷◌, ◌++◌, length, map, refl, sym, ap, subst, ◌∙◌, Option, Some, None, arith}
 use Rattle.std.specs.Prelude.{◌&&◌, ◌||◌, nat_lt, find, filter, is_none}
 use Rattle.std.specs.Option.{option_map}

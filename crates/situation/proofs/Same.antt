@@ -1,5 +1,5 @@
 -- Two legal pasts of one situation are the same notion by notion.
--- Cited by `Coming`, `Onward/Whole`.
+-- Cited by `Coming`, `Onward/Whole`, `log_count`.
 use Rattle.std.proofs.Common.{◌≡◌, ℕ, zero, suc, ◌+◌, ◌<◌, ◌≤◌, List, [], ◌∷◌, length, map, refl, sym, ap, subst, ◌∙◌, Option, Some, None, ⊎_elim, arith}
 use Rattle.std.specs.Prelude.{◌⊎◌}
 use Rattle.std.specs.Option.{option_map, option_map_or}

@@ -1,5 +1,5 @@
 -- What an entry changes goes by its kind without the items of jobs, but for what a seat holds.
--- Cited by `Onward/Folds`, `Onward/Scopes`, `Onward/Tasks`, `Onward/Whole`.
+-- Cited by `Onward/Folds`, `Onward/Scopes`, `Onward/Tasks`, `Onward/Whole`, `log_count`.
 use Rattle.std.proofs.Common.{◌≡◌, ℕ, refl, sym, ap, ◌∙◌, Option, Some, None}
 use Rattle.std.specs.Prelude.{is_some}
 use Rattle.std.specs.Option.{option_map}

@@ -1,5 +1,5 @@
 -- Pasts in the same situation have the same ways on.
--- Cited by `Coming`, `Onward/Scopes`.
+-- Cited by `Coming`, `Onward/Scopes`, `log_count`.
 use Rattle.std.proofs.Common.{◌≡◌, ℕ, ◌≤◌, Bool, true, false, cond, eqb, List, [], ◌∷◌, length, refl, sym, ap, subst, ◌∙◌, Option, Some, None, ⊎_elim}
 use Rattle.std.specs.Prelude.{◌&&◌, not, nat_le, is_none, filter, slice_get, option_and_then}
 use Rattle.std.specs.Option.{option_map, option_map_or, IfSome}

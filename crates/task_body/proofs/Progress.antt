@@ -1,5 +1,5 @@
 -- What each step of a body brings: it does some steps at the front, or none is left.
--- Cited by `Assignment::step`, `ScriptBodyTaskBody::step`, `Consistent`, `env_core`, `env_crew`, `seat_hand`.
+-- Cited by `Assignment::step`, `ScriptBodyTaskBody::step`, `Consistent`, `env_core`, `env_crew`, `env_step`.
 use Rattle.std.proofs.Common.{◌≡◌, ℕ, zero, suc, ◌+◌, ◌-◌, ◌<◌, List, [], ◌∷◌, ◌++◌, length, take, drop, refl}
 use Rattle.std.proofs.Common.{sym, ap, ◌∙◌, add-one, Some, arith, length-append, length-drop}
 use Rattle.std.proofs.Math.Seq.{take-append_seam, drop-cons}

@@ -1,6 +1,7 @@
 -- What one more entry does to each notion of the past.
--- Cited by `env_core`, `env_crew`, `env_shared`, `hist_model`, `nested_loop`, `next_entry`, `past_lookup`, `pool_core`, `pool_laws`,
--- `queue_laws`, `run_summary`, `seat_hand`, `sequence_manager`, `task_reply`.
+-- Cited by `env_core`, `env_crew`, `env_shared`, `env_step`, `hist_model`, `live_core`, `log_context`, `log_count`, `nested_loop`,
+-- `next_entry`, `past_lookup`, `pool_core`, `pool_laws`, `queue_laws`, `run_summary`, `sequence_manager`, `simulation`, `situation`,
+-- `task_reply`.
 use Rattle.std.proofs.Common.{◌≡◌, ℕ, ◌+◌, ◌%◌, ◌^◌, Bool, true, false, cond, eqb, List, [], ◌∷◌, ◌++◌, length, refl, sym, ap, ◌∙◌, append_assoc, None}
 use Rattle.std.specs.Prelude.{◌||◌, is_some, slice_get, filter}
 use Rattle.std.specs.List.{list_any}

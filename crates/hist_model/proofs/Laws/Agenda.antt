@@ -1,6 +1,6 @@
 -- How the driver's agenda moves on.
 -- Cited by `Laws/Entries/Driver`, `Laws/OneThing`, `Laws/Postings/Driver`, `Laws/Progress/Driver`, `current.rt`, `env_core`, `env_crew`,
--- `run_summary`.
+-- `log_count`, `run_summary`, `situation`.
 use Rattle.std.proofs.Common.{◌≡◌, ℕ, zero, suc, ◌+◌, ◌-◌, Bool, true, false, cond, eqb, leb, List, [], ◌∷◌}
 use Rattle.std.proofs.Common.{◌++◌, length, refl, sym, ap, subst, ◌∙◌, Option, Some, None, arith}
 use Rattle.std.specs.Prelude.{◌&&◌, ◌||◌, filter}

@@ -1,5 +1,5 @@
 -- What comes by a sound script, or by a task of one: a sound action wants it, or a sound step of the task enters it.
--- Cited by `Laws/Fitting/Entries`, `Laws/Whole/Workers`, `env_core`, `run_summary`.
+-- Cited by `Laws/Fitting/Entries`, `Laws/Whole/Workers`, `env_core`, `run_summary`, `situation`.
 use Rattle.std.proofs.Common.{◌≡◌, ℕ, true, List, [], ◌∷◌, refl, sym, ap, subst, ◌∙◌, Option, Some, None}
 use Rattle.std.specs.Prelude.{filter, slice_get, option_and_then}
 use Rattle.std.specs.Option.{IfSome, option_map_or}

@@ -1,8 +1,8 @@
 -- What is chosen from a list is one of its elements.
 -- Cited by `Laws/BySound`, `Laws/Entries/Tasks`, `Laws/JobEntries`, `Laws/OneThing`, `Laws/OpenPlans`, `Laws/Order/Draws`,
 -- `Laws/Order/Keys`, `Laws/Progress/Coming`, `Laws/Progress/Jobs`, `Laws/Progress/Pump`, `Laws/Progress/Tasks`, `Laws/Progress/Workers`,
--- `Laws/Rising`, `Laws/Shutdown/Histories`, `Laws/State`, `Laws/Takes`, `Laws/Wants`, `Laws/Ways`, `env_core`, `log_replay`, `run_summary`,
--- `seat_hand`, `task_reply`.
+-- `Laws/Rising`, `Laws/Shutdown/Histories`, `Laws/State`, `Laws/Takes`, `Laws/Wants`, `Laws/Ways`, `env_core`, `live_core`, `log_count`,
+-- `run_summary`, `situation`, `task_reply`.
 use Rattle.std.proofs.Common.{◌≡◌, ℕ, Bool, true, false, eqb, List, [], ◌∷◌, refl, subst, Option, Some, None}
 use Rattle.std.specs.Prelude.{not, length, Contains, filter, if◌then◌else◌}
 use Rattle.std.specs.List.{AllByRecursion, filter_map, cons_option, range_with_len, flat_map}

@@ -1,6 +1,6 @@
 -- The items of jobs in legal histories: those that are claimed, those that are done, and those that seats hold.
 -- Cited by `Laws/Entries/Jobs`, `Laws/LegalPast`, `Laws/Progress/Quiet`, `Laws/Ways`, `Laws/Whole/Rest`, `jobs.rt`, `env_core`,
--- `run_summary`.
+-- `log_count`, `run_summary`, `situation`.
 use Rattle.std.proofs.Common.{◌≡◌, ℕ, ◌+◌, ◌≤◌, Bool, true, false, cond, eqb, List, [], ◌∷◌, ◌++◌, length, refl, ap, subst, ◌∙◌, Option, Some, None, arith}
 use Rattle.std.specs.Prelude.{◌&&◌, is_some}
 use Rattle.std.proofs.lemmas.Bool.{eq-eqb, eqb-true}

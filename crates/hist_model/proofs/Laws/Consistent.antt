@@ -1,6 +1,6 @@
 -- Every legal past is consistent.
 -- Cited by `Laws/LegalPast`, `Laws/OneSeat`, `Laws/OpenPlans`, `Laws/Postings/Once`, `Laws/Progress/Tasks`, `Laws/Rising`, `Laws/Starts`,
--- `Laws/Whole/Rest`, `seats.rt`, `env_core`, `run_summary`.
+-- `Laws/Whole/Rest`, `seats.rt`, `call_laws`, `env_core`, `live_core`, `log_count`, `run_summary`, `situation`.
 use Rattle.std.proofs.Common.{◌≡◌, ℕ, Bool, true, false, List, [], ◌∷◌, ◌++◌, refl, sym, ap, ◌∙◌, arith}
 use Rattle.std.proofs.lemmas.Bool.{eqb-true, true≢false, eq-eqb}
 use Rattle.task_base.specs.Plan.{Plan}

@@ -1,5 +1,5 @@
 -- What is the way on of a seat is allowed when what it waits for has come.
--- Cited by `ways.rt`.
+-- Cited by `ways.rt`, `log_count`, `log_replay`, `simulation`, `situation`.
 use Rattle.std.proofs.Common.{◌≡◌, ℕ, zero, suc, ◌≤◌, Bool, true, false, cond, eqb, leb, List, [], ◌∷◌, refl, sym, ap, subst, ◌∙◌, Option, Some, None, ⊎_elim, arith}
 use Rattle.std.specs.Prelude.{◌&&◌, ◌↔◌, not, is_none, option_and_then}
 use Rattle.std.specs.List.{list_all}

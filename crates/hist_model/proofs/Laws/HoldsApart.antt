@@ -1,6 +1,6 @@
 -- In every legal history no two seats hold one item of a job, or one number in it.
 -- Cited by `Laws/LegalPast`, `Laws/Progress/Quiet`, `Laws/Progress/Tasks`, `Laws/Shutdown/Places`, `Laws/Whole/Rest`, `jobs.rt`,
--- `run_summary`.
+-- `live_core`, `log_count`, `run_summary`, `situation`.
 use Rattle.std.proofs.Common.{◌≡◌, ℕ, ◌+◌, ◌<◌, ◌≤◌, Bool, true, false, cond, eqb, List, [], ◌∷◌}
 use Rattle.std.proofs.Common.{◌++◌, length, refl, sym, subst, ◌∙◌, Some, None, inl, inr, arith}
 use Rattle.std.specs.Prelude.{not}

@@ -1,6 +1,7 @@
 -- What is known of an allowed entry of a job: of its entering, of a step, and of a join.
 -- Cited by `Laws/Claims`, `Laws/Entries/Jobs`, `Laws/Fitting/Entries`, `Laws/HoldsApart`, `Laws/OpenPlans`, `Laws/Progress/Ends`,
--- `Laws/Ways`, `Laws/Whole/Items`, `jobs.rt`, `env_core`, `env_crew`, `env_explain`, `log_replay`, `run_summary`, `trace_json`.
+-- `Laws/Ways`, `Laws/Whole/Items`, `jobs.rt`, `env_core`, `env_crew`, `env_step`, `live_core`, `run_summary`, `situation`, `told_context`,
+-- `trace_json`.
 use Rattle.std.proofs.Common.{◌≡◌, ℕ, true, eqb, List, [], ◌∷◌, length, refl, sym, ap, subst, ◌∙◌, Option, Some, None, ⊎_elim, arith}
 use Rattle.std.specs.Prelude.{◌&&◌, is_none}
 use Rattle.std.proofs.lemmas.Bool.{eqb-true, and_parts}

@@ -3,8 +3,9 @@
 -- `Laws/HoldsApart`, `Laws/Moments`, `Laws/OneSeat`, `Laws/OneThing`, `Laws/OpenPlans`, `Laws/Postings/Counts`, `Laws/Postings/Once`,
 -- `Laws/Progress/Actions`, `Laws/Progress/Driver`, `Laws/Progress/Ends`, `Laws/Progress/Tasks`, `Laws/Refusals`, `Laws/Rising`,
 -- `Laws/Shutdown/Histories`, `Laws/Shutdown/Places`, `Laws/Told`, `Laws/Whole/Items`, `Laws/Whole/MainTasks`, `Laws/Whole/Workers`,
--- `histories.rt`, `app_modes`, `env_app`, `env_check`, `env_core`, `env_crew`, `env_explain`, `env_threads`, `log_replay`, `next_entry`,
--- `run_summary`, `task_reply`, `trace_json`, `turn_table`.
+-- `histories.rt`, `app_modes`, `env_app`, `env_check`, `env_core`, `env_crew`, `env_explain`, `env_threads`, `live_core`, `log_count`,
+-- `log_moves`, `log_replay`, `next_entry`, `open_check`, `order_search`, `run_summary`, `simulation`, `situation`, `task_reply`,
+-- `told_context`, `trace_json`, `turn_table`.
 use Rattle.std.proofs.Common.{◌≡◌, ℕ, ◌≤◌, leb, cond, length, Some, Bool, true, false, List, [], ◌∷◌, ◌++◌, refl, sym, ap, subst, ◌∙◌, append_assoc, append-nil}
 use Rattle.std.specs.Prelude.{◌&&◌, is_none}
 use Rattle.std.proofs.Math.Bool.{and-true}

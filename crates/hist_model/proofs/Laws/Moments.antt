@@ -1,5 +1,5 @@
 -- The moments that readings become, and those of the ticks of legal logs.
--- Cited by `readings.rt`, `env_crew`.
+-- Cited by `readings.rt`, `env_crew`, `simulation`.
 use Rattle.std.proofs.Common.{◌≡◌, ℕ, zero, suc, ◌≤◌, true, leb, List, [], ◌∷◌, ◌++◌, length, refl, sym, ap, subst, ◌∙◌, Some, arith, append-nil}
 use Rattle.std.specs.Prelude.{min, max, fold, slice_get}
 use Rattle.std.proofs.lemmas.Bool.{leb-true, and_parts}

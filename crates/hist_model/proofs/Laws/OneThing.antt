@@ -1,7 +1,8 @@
 -- In every legal history each seat does one thing at a time.
 -- Cited by `Laws/BySound`, `Laws/Claims`, `Laws/Due`, `Laws/HoldsApart`, `Laws/JobEntries`, `Laws/LegalPast`, `Laws/OneSeat`,
 -- `Laws/OpenPlans`, `Laws/Progress/Coming`, `Laws/Progress/Driver`, `Laws/Progress/Ends`, `Laws/Progress/Tasks`, `Laws/Singly`,
--- `Laws/Wants`, `Laws/Ways`, `seats.rt`, `env_core`, `env_explain`, `next_entry`, `run_summary`, `seat_hand`, `task_reply`, `trace_json`.
+-- `Laws/Wants`, `Laws/Ways`, `seats.rt`, `env_core`, `env_explain`, `env_step`, `live_core`, `next_entry`, `run_summary`, `situation`,
+-- `task_reply`, `trace_json`.
 use Rattle.std.proofs.Common.{◌≡◌, ℕ, ◌≤◌, Bool, true, false, cond, eqb, List, [], ◌∷◌, ◌++◌, length, refl}
 use Rattle.std.proofs.Common.{sym, ap, subst, ◌∙◌, Option, Some, None, ◌⊎◌, inl, inr, ⊎_elim, arith}
 use Rattle.std.specs.Prelude.{◌&&◌, ◌||◌, is_none}

@@ -2,7 +2,8 @@
 -- Cited by `Laws/Due`, `Laws/Entries/Bound`, `Laws/Entries/Driver`, `Laws/Fitting/Entries`, `Laws/JobEntries`, `Laws/OneThing`,
 -- `Laws/OpenPlans`, `Laws/Postings/Counts`, `Laws/Postings/Driver`, `Laws/Progress/Actions`, `Laws/Progress/Coming`, `Laws/Progress/Ends`,
 -- `Laws/Progress/Made`, `Laws/Progress/Tasks`, `Laws/Progress/Ways`, `Laws/Rising`, `Laws/Ways`, `Laws/Whole/Workers`, `open.rt`,
--- `env_core`, `env_crew`, `env_explain`, `env_threads`, `log_replay`, `next_entry`, `run_summary`, `task_reply`.
+-- `env_core`, `env_crew`, `env_explain`, `env_step`, `env_threads`, `live_core`, `log_count`, `log_replay`, `run_summary`, `situation`,
+-- `task_reply`.
 use Rattle.std.proofs.Common.{◌≡◌, ℕ, Bool, true, false, cond, eqb, List, refl, sym, ap, ◌∙◌, ◌⊎◌, inl, inr}
 use Rattle.std.specs.Prelude.{nat_le, not, ◌&&◌, ◌||◌, is_none, length, filter}
 use Rattle.std.proofs.Math.Bool.{and-true}

@@ -1,6 +1,6 @@
 -- What open plans give: the clock may always be read, nothing starts once shutdown is done, a free worker has one way on, and a
 -- guest only posts.
--- Cited by `nothing_starts_once_shutdown_is_done`, `open.rt`.
+-- Cited by `nothing_starts_once_shutdown_is_done`, `open.rt`, `live_core`.
 use Rattle.std.proofs.Common.{◌≡◌, ℕ, ◌≤◌, Bool, true, false, cond, eqb, List, [], ◌∷◌, ◌++◌, append-nil, refl, sym, ap, subst, ◌∙◌, Option, Some, None, ◌⊎◌, inl, inr, ⊎_elim, arith}
 use Rattle.std.specs.Prelude.{◌&&◌, ◌||◌, is_none, is_some, nat_le, Contains}
 use Rattle.std.specs.List.{AllByRecursion, list_any}

@@ -1,7 +1,7 @@
 -- What a seat does is told by its own entries.
 -- Cited by `Laws/Due`, `Laws/Entries/Driver`, `Laws/JobEntries`, `Laws/OneThing`, `Laws/OpenPlans`, `Laws/Progress/Driver`,
--- `Laws/Progress/Jobs`, `Laws/Progress/Pump`, `Laws/Wants`, `seats.rt`, `env_core`, `env_crew`, `env_explain`, `env_threads`, `log_replay`,
--- `next_entry`, `run_summary`, `seat_hand`, `turn_table`, `worked_calls`.
+-- `Laws/Progress/Jobs`, `Laws/Progress/Pump`, `Laws/Wants`, `seats.rt`, `env_core`, `env_crew`, `env_explain`, `env_step`, `env_threads`,
+-- `live_core`, `log_count`, `next_entry`, `run_summary`, `situation`, `turn_table`, `worked_calls`.
 use Rattle.std.proofs.Common.{◌≡◌, ℕ, Bool, true, false, cond, eqb, List, [], ◌∷◌, ◌++◌, append-nil, refl, sym, ap, ◌∙◌, None}
 use Rattle.std.specs.Prelude.{filter, fold}
 use Rattle.std.proofs.lemmas.List.Elements.{filter-append}

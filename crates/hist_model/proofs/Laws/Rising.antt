@@ -1,5 +1,6 @@
 -- Moments, orders and scopes in every legal past.
--- Cited by `moments_and_orders_rise`, `Laws/LegalPast`, `Laws/OpenPlans`, `Laws/Order/Lanes`, `Laws/Order/Pasts`, `Laws/Whole/MainTasks`.
+-- Cited by `moments_and_orders_rise`, `Laws/LegalPast`, `Laws/OpenPlans`, `Laws/Order/Lanes`, `Laws/Order/Pasts`, `Laws/Whole/MainTasks`,
+-- `live_core`, `log_count`, `situation`.
 use Rattle.std.specs.Prelude.{◌&&◌, not, is_none}
 use Rattle.std.proofs.Common.{◌≡◌, ℕ, ◌≤◌, Bool, true, false, cond, eqb, leb, List, [], ◌∷◌, ◌++◌, refl, sym, ap, ◌∙◌, Some, None, ⊎_elim, arith}
 use Rattle.std.proofs.lemmas.Bool.{cond_both, eqb-true, leb-true, and_parts, both_ways, or_parts}

@@ -1,5 +1,5 @@
 -- Each task is taken and ended at most once, behind its accepted post, and by one seat.
--- Cited by `Laws/Shutdown/Places`, `Laws/Singly`, `Laws/State`, `starts.rt`, `task_reply`, `trace_json`.
+-- Cited by `Laws/Shutdown/Places`, `Laws/Singly`, `Laws/State`, `starts.rt`, `log_count`, `situation`, `task_reply`, `trace_json`.
 use Rattle.std.proofs.Common.{◌≡◌, ℕ, ◌<◌, Bool, true, false, List, [], ◌∷◌, ◌++◌, take, refl, sym, ap, subst, ◌∙◌, Some, inl, inr}
 use Rattle.std.specs.Prelude.{slice_get, Contains}
 use Rattle.std.specs.List.{list_any, AllByRecursion}

@@ -2,7 +2,7 @@
 -- Cited by `Laws/Consistent`, `Laws/Due`, `Laws/Entries/Bound`, `Laws/Fences`, `Laws/Fitting/Entries`, `Laws/JobEntries`, `Laws/OneSeat`,
 -- `Laws/OneThing`, `Laws/OpenPlans`, `Laws/Postings/Counts`, `Laws/Progress/Coming`, `Laws/Progress/Driver`, `Laws/Progress/Ends`,
 -- `Laws/Progress/Tasks`, `Laws/Shutdown/Histories`, `Laws/Singly`, `Laws/Starts`, `Laws/State`, `Laws/Ways`, `seats.rt`, `env_core`,
--- `env_explain`, `log_replay`, `run_summary`, `task_reply`, `trace_json`.
+-- `env_explain`, `env_step`, `live_core`, `log_count`, `run_summary`, `situation`, `task_reply`, `told_context`, `trace_json`.
 use Rattle.std.proofs.Common.{◌≡◌, ℕ, ◌≤◌, true, false, eqb, leb, List, sym, ap, subst, ◌∙◌, Some, ◌⊎◌, inl, inr, ⊎_elim}
 use Rattle.std.specs.Prelude.{not, ◌&&◌}
 use Rattle.std.proofs.lemmas.Bool.{or_cases, eqb-true, leb-true, and_parts, not-true}

@@ -1,5 +1,5 @@
 -- What the script wants of the driver, and what a task enters by its next act step.
--- Cited by `Laws/Ways`, `env_core`, `log_replay`.
+-- Cited by `Laws/Ways`, `env_core`, `situation`.
 use Rattle.std.proofs.Common.{◌≡◌, ℕ, Bool, true, eqb, List, refl, sym, ap, subst, ◌∙◌, Option, Some, None}
 use Rattle.std.proofs.lemmas.Bool.{and_parts, eqb-true, true≢false}
 use Rattle.std.proofs.lemmas.Option.{same_Some}

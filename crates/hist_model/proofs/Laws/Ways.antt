@@ -1,5 +1,5 @@
 -- Each seat has at most one way on.
--- Cited by `Laws/Due`, `Laws/OpenPlans`, `Laws/Told`, `ways.rt`.
+-- Cited by `Laws/Due`, `Laws/OpenPlans`, `Laws/Told`, `ways.rt`, `live_core`, `simulation`, `situation`, `told_context`.
 use Rattle.std.proofs.Common.{◌≡◌, ℕ, ◌≤◌, ◌<◌, Bool, true, false, cond, eqb, List, [], ◌∷◌, length, refl, sym, ap, ◌∙◌, Option, Some, None, ⊎_elim, arith}
 use Rattle.std.specs.Prelude.{◌&&◌, ◌||◌, not, nat_lt, is_none, filter}
 use Rattle.std.proofs.lemmas.Bool.{and_parts, eqb-true, or_cases, not-true, ne_eqb, ltb-true, false_from_ne_true}

@@ -1,5 +1,5 @@
 -- The line of an entry, and what it tells.
--- Cited by `Laws/LogJsons`, `Laws/LogTexts`, `app_modes`, `entry_lines`, `run_log`.
+-- Cited by `Laws/LogJsons`, `Laws/LogTexts`, `app_modes`, `entry_lines`, `event_text`, `run_log`.
 use Rattle.std.proofs.Common.{◌≡◌, ◌<◌, ◌^◌, ℕ, List, ◌∷◌, refl, arith}
 use Rattle.std.specs.Prelude.{map}
 use Rattle.std.specs.Fmt.{decimal}

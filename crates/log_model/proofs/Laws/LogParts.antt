@@ -1,5 +1,5 @@
 -- The parts of an entry: what they are written as, and what they tell.
--- Cited by `Laws/LogJsons`, `Laws/LogLines`, `Laws/LogTexts`, `run_log`.
+-- Cited by `Laws/LogJsons`, `Laws/LogLines`, `Laws/LogTexts`, `event_text`, `run_log`.
 use Rattle.std.proofs.Common.{◌≡◌, ◌≢◌, ◌==◌, ◌<◌, ◌+◌, ◌/◌, ◌%◌, ◌^◌, ℕ, zero, suc, get_or, Bool, true, false, if◌then◌else◌}
 use Rattle.std.proofs.Common.{Option, None, Some, List, [], ◌∷◌, ◌++◌, refl, sym, ap, ◌∙◌, arith, nat_lt}
 use Rattle.std.specs.Prelude.{◌&&◌, not, nat_eq, map, codes, unwrap_or}

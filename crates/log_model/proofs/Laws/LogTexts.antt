@@ -1,5 +1,5 @@
 -- The text of a log: it tells the history, and it grows by a line for each entry.
--- Cited by `log_texts_differ`, `log_text.rt`, `env_app`, `hist_model`, `run_log`.
+-- Cited by `log_texts_differ`, `log_text.rt`, `env_app`, `hist_model`, `order_answer`, `run_log`.
 use Rattle.std.proofs.Common.{◌≡◌, ◌≢◌, ◌<◌, ◌≤◌, ◌+◌, ℕ, suc, List, [], ◌∷◌, ◌++◌, All, length, get_or, take, drop, refl, sym, ap, subst, ◌∙◌}
 use Rattle.std.proofs.Common.{eqb, arith, add-zero, zero-add, add-one, append_assoc, append-nil, length-take-le, take-suc, take_all}
 use Rattle.std.specs.Prelude.{map, codes}

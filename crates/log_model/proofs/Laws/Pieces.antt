@@ -1,5 +1,5 @@
 -- Pieces of text, parted or ended by a byte that none of them has.
--- Cited by `Laws/LogJsons`, `Laws/LogLines`, `Laws/LogParts`, `Laws/LogTexts`, `run_log`.
+-- Cited by `Laws/LogJsons`, `Laws/LogLines`, `Laws/LogParts`, `Laws/LogTexts`, `event_text`, `run_log`.
 use Rattle.std.proofs.Common.{◌≡◌, ◌≢◌, ℕ, List, [], ◌∷◌, ◌++◌, refl, sym, ap}
 use Rattle.std.specs.List.{AllByRecursion, join_with_byte}
 

@@ -1,5 +1,5 @@
 -- Entries of the main queues, of the driver, and of jobs that nobody enters change nothing of the pool.
--- Cited by `other_entries_keep_the_pool`, `env_core`.
+-- Cited by `other_entries_keep_the_pool`, `env_core`, `live_core`.
 use Rattle.pool_core.proofs.Works.GroupGrowth.{groups_at_driver, groups_kept}
 use Rattle.pool_core.proofs.Calls.Kept.{stands_kept, stands_with}
 use Rattle.pool_core.proofs.LineGrowth.{lines_at_main}

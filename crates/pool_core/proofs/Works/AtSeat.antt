@@ -1,5 +1,5 @@
 -- The task of the pool that a seat runs: how it was posted, its sequence, what it counts for, and what its group keeps of it.
--- Cited by `Pool::end`, `Pool::enter`, `Pool::leave`, `Calls/Ends`.
+-- Cited by `Pool::end`, `Pool::enter`, `Pool::leave`, `Calls/Ends`, `live_core`.
 use Rattle.pool_core.proofs.Accepted.{is_declared, runs_accepted}
 use Rattle.pool_core.proofs.Works.GroupWorks.{seat_there, task_of_pool, works_here}
 use Rattle.pool_core.proofs.Lines.{out_while_running}

@@ -1,6 +1,6 @@
 -- There is only one best source: the only one that waits, may be taken, and has none before it that may be taken, as no two
 -- sources that wait have one key.
--- Cited by `pool_core`.
+-- Cited by `pool_core`, `situation`.
 use Rattle.std.proofs.Common.{◌≡◌, ℕ, true, false, eqb, List, refl, sym, ap, ◌∙◌, Option, Some, None}
 use Rattle.std.specs.Prelude.{◌&&◌, ◌||◌, nat_lt}
 use Rattle.std.proofs.lemmas.Bool.{true≢false}

@@ -3,7 +3,7 @@
 --
 -- What waits is what would wait and is not held back. So it stays where both stay: at the entries of the main queues, the
 -- blocking scopes, refused posts, joins, and the entries that only report.
--- Cited by `Choice/Sources`, `hist_model`, `next_entry`, `pool_core`, `run_summary`.
+-- Cited by `Choice/Sources`, `hist_model`, `log_count`, `next_entry`, `pool_core`, `run_summary`, `situation`.
 use Rattle.std.proofs.Common.{◌≡◌, ℕ, ◌<◌, Bool, true, false, cond, List, [], ◌∷◌, ◌++◌, length, refl, sym, ap, ◌∙◌, Option, Some, None, inl, inr, arith}
 use Rattle.std.specs.Prelude.{not, ◌⊎◌, nat_lt, Contains}
 use Rattle.std.specs.Option.{option_map}

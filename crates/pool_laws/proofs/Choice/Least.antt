@@ -3,7 +3,7 @@
 --
 -- The head of a sequence is one of its eligible tasks, and none of them has a key below its own. The best source waits and
 -- may be taken, and no source that may be taken goes before it. Of two keys one is below the other, or they are equal.
--- Cited by `Choice/Best`, `Choice/Sources`, `Keys/Arrivals`, `hist_model`, `next_entry`, `pool_core`.
+-- Cited by `Choice/Best`, `Choice/Sources`, `Keys/Arrivals`, `hist_model`, `log_count`, `next_entry`, `pool_core`, `situation`.
 use Rattle.std.proofs.Common.{◌≡◌, ℕ, Bool, true, false, eqb, List, [], ap, refl, ◌∙◌, Option, Some, None, arith}
 use Rattle.std.specs.Prelude.{◌&&◌, ◌||◌, nat_lt, filter, Contains, All}
 use Rattle.std.specs.Option.{option_map}

@@ -1,6 +1,6 @@
 -- The numbers that workers have inside a job. One more worker always finds a free one, the least that nobody inside has,
 -- and that is at most how many are inside.
--- Cited by `env_core`, `hist_model`, `pool_core`.
+-- Cited by `call_laws`, `hist_model`, `log_count`, `pool_core`, `situation`.
 use Rattle.std.proofs.Common.{◌≡◌, ℕ, ◌+◌, ◌≤◌, true, eqb, List, length, sym, ap, ◌∙◌, Option, Some, None}
 use Rattle.std.specs.Prelude.{not, find}
 use Rattle.std.specs.List.{list_any, range_with_len}

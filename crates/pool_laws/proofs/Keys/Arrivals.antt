@@ -1,6 +1,6 @@
 -- The arrivals: they rise in key, they are the accepted tasks that have keys, and the head of a sequence is the first of
 -- them that is of it and may start.
--- Cited by `hist_model`, `pool_core`, `queue_laws`, `sequence_manager`.
+-- Cited by `hist_model`, `pool_core`, `queue_laws`, `sequence_manager`, `situation`.
 use Rattle.std.proofs.Common.{◌≡◌, ℕ, ◌+◌, ◌<◌, Bool, true, false, cond, eqb, List, [], ◌∷◌, ◌++◌, length}
 use Rattle.std.proofs.Common.{map, refl, sym, ap, ◌∙◌, subst, Option, Some, None, inl, inr, arith}
 use Rattle.std.specs.Prelude.{◌&&◌, ◌||◌, ◌⊎◌, nat_lt, nat_le, find, filter, is_none}

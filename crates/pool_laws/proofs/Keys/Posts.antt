@@ -1,6 +1,6 @@
 -- What one more entry does to the accepted tasks: only an accepted post changes them, the post of a task stays, and the
 -- posts stay in order and of tasks of their own, as long as no task is posted twice.
--- Cited by `Seats/Runs`, `pool_core`, `sequence_manager`.
+-- Cited by `Seats/Runs`, `pool_core`, `sequence_manager`, `situation`.
 use Rattle.list_laws.specs.Lists.{count}
 use Rattle.list_laws.proofs.Values.{eqb-same}
 use Rattle.list_laws.proofs.Filters.{filter_none}

@@ -10,7 +10,7 @@
 --
 -- As long as the moments of the ticks never fall, no tick has come to a moment ahead. So a delayed task has no key at
 -- its post.
--- Cited by `Keys/Arrivals`, `Keys/Posts`, `Keys/Sequences`, `hist_model`, `pool_core`, `queue_laws`, `sequence_manager`.
+-- Cited by `Keys/Arrivals`, `Keys/Posts`, `Keys/Sequences`, `hist_model`, `pool_core`, `queue_laws`, `sequence_manager`, `situation`.
 use Rattle.std.proofs.Common.{◌≡◌, ℕ, suc, ◌+◌, ◌<◌, ◌≤◌, subst, Bool, true, false, cond, List, [], ◌∷◌, ◌++◌, length, refl, ap, ◌∙◌, Option, Some, None, arith}
 use Rattle.std.specs.Option.{option_map, option_or}
 use Rattle.std.specs.Prelude.{nat_lt}

@@ -1,6 +1,6 @@
 -- What a seat that is free does, and what an entry leaves of open scopes: one that opens and closes no scope of a task leaves its
 -- scope.
--- Cited by `env_core`, `env_explain`, `hist_model`, `next_entry`, `pool_core`, `run_summary`, `seat_hand`.
+-- Cited by `env_core`, `env_explain`, `env_step`, `hist_model`, `next_entry`, `pool_core`, `run_summary`.
 use Rattle.std.proofs.Common.{◌≡◌, ℕ, true, false, List, [], ◌∷◌, ◌++◌, refl, sym, ◌∙◌, Option, Some, None}
 use Rattle.std.specs.Prelude.{◌&&◌, is_none}
 use Rattle.std.proofs.lemmas.Bool.{true≢false}

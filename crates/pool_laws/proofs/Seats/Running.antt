@@ -10,8 +10,8 @@
 -- its next item. No other kind changes that, and no entry of another job.
 --
 -- All is quiet exactly where each seat is free, and a sequence runs exactly where a seat runs a task of it.
--- Cited by `Jobs`, `Choice/Waiting`, `Seats/Runs`, `Seats/Whose`, `Shutdown/Jobs`, `env_core`, `env_threads`, `hist_model`, `pool_core`,
--- `run_summary`, `sequence_manager`, `trace_json`.
+-- Cited by `Jobs`, `Choice/Waiting`, `Seats/Runs`, `Seats/Whose`, `Shutdown/Jobs`, `env_core`, `env_threads`, `hist_model`, `live_core`,
+-- `pool_core`, `run_summary`, `sequence_manager`, `trace_json`.
 use Rattle.std.proofs.Common.{◌≡◌, ℕ, ◌+◌, Bool, true, false, cond, eqb, List, [], ◌∷◌, ◌++◌, length, refl, sym, ◌∙◌, Option, Some, None, arith}
 use Rattle.std.specs.Prelude.{not, ◌||◌, is_some, ◌==◌}
 use Rattle.std.proofs.lemmas.Bool.{true≢false, eqb-true}

@@ -1,5 +1,5 @@
 -- What one more entry does to what is run of the pool, and of the main queues.
--- Cited by `hist_model`, `pool_core`, `run_summary`.
+-- Cited by `hist_model`, `log_count`, `pool_core`, `run_summary`, `situation`.
 use Rattle.std.proofs.Common.{◌≡◌, ℕ, ◌≤◌, Bool, true, false, eqb, List, [], ◌∷◌, ◌++◌, refl, sym, ap, ◌∙◌, Option, Some, None, ◌⊎◌, inl, inr, ⊎_elim, arith}
 use Rattle.std.specs.Prelude.{◌||◌}
 use Rattle.std.proofs.lemmas.Bool.{both_ways, eq-eqb, false_from_ne_true, or_cases, or_from, or_left, or_right, true≢false}

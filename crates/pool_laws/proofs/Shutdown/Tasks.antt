@@ -2,7 +2,7 @@
 -- post on, and a skip task from its start on, each until its end; a post leaves the skip tasks that run, a take leaves the
 -- open block tasks, and each other kind leaves both. The premises hold in each legal past: a task has one accepted post, is
 -- taken after it, and ends after that.
--- Cited by `Shutdown/Blockers`, `pool_core`.
+-- Cited by `Shutdown/Blockers`, `log_count`, `pool_core`, `situation`.
 use Rattle.std.proofs.Common.{◌≡◌, ℕ, ◌+◌, ◌≤◌, Bool, true, false, cond, eqb, List, [], ◌∷◌, ◌++◌, length, refl, sym, ap, ◌∙◌, Some, arith}
 use Rattle.std.specs.Prelude.{◌&&◌, not, find, filter}
 use Rattle.std.proofs.Math.Bool.{or-false, and-true, and-false}

@@ -1,5 +1,5 @@
 -- Each action of the canonical text is read, behind those before it, as itself; and so the whole text is.
--- Cited by `scripts_that_are_read_are_valid`, `env_core`, `task_reply`, `task_script`.
+-- Cited by `scripts_that_are_read_are_valid`, `env_core`, `simulation`, `task_reply`, `task_script`.
 use Rattle.std.proofs.Common.{◌≡◌, ℕ, ◌+◌, ◌≤◌, false, List, [], ◌∷◌, ◌++◌, length, take, map, refl, sym, subst, arith}
 use Rattle.std.proofs.lemmas.Bool.{lt-ltb, le-ltb}
 use Rattle.std.proofs.Math.Seq.{take-append_seam}

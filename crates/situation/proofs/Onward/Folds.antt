@@ -1,5 +1,5 @@
 -- One more entry after two pasts in the same situation: what is told entry by entry stays the same.
--- Cited by `Onward/Scopes`, `Onward/Tasks`, `Onward/Whole`.
+-- Cited by `Onward/Scopes`, `Onward/Tasks`, `Onward/Whole`, `log_count`.
 use Rattle.std.proofs.Common.{◌≡◌, ℕ, ◌+◌, ◌<◌, Bool, true, false, cond, eqb, List, [], ◌∷◌, ◌++◌, length, refl, sym, ap, subst, ◌∙◌, Option, Some, None, arith}
 use Rattle.std.specs.Prelude.{◌&&◌, ◌||◌, nat_le}
 use Rattle.std.specs.Option.{option_map}

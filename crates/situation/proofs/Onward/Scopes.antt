@@ -1,5 +1,5 @@
 -- One more entry after two pasts in the same situation: open scopes count from the same moments.
--- Cited by `Onward/Tasks`, `Onward/Whole`.
+-- Cited by `Onward/Tasks`, `Onward/Whole`, `log_count`.
 use Rattle.std.proofs.Common.{◌≡◌, ℕ, ◌+◌, ◌≤◌, Bool, true, false, cond, eqb, List, [], ◌∷◌, ◌++◌, refl, sym, ap, subst, ◌∙◌, Option, Some, None, arith}
 use Rattle.std.specs.Prelude.{◌||◌, nat_le}
 use Rattle.std.specs.Option.{option_map}

@@ -1,6 +1,6 @@
 -- One more entry after two pasts in the same situation: the behaviours of the tasks that run, the block tasks that have not ended,
 -- and the skip tasks that run.
--- Cited by `Onward/Whole`.
+-- Cited by `Onward/Whole`, `log_count`.
 use Rattle.std.proofs.Common.{◌≡◌, ℕ, ◌+◌, Bool, true, false, cond, eqb, List, [], ◌∷◌, ◌++◌, refl, sym, ap, subst, ◌∙◌, Option, Some, None, inl, inr, arith}
 use Rattle.std.specs.Prelude.{◌&&◌, ◌⊎◌, find, Contains}
 use Rattle.std.specs.Option.{option_map, option_or}

@@ -1,5 +1,5 @@
 -- One more entry after two pasts in the same situation: the tasks that are not ripe.
--- Cited by `Onward/Whole`.
+-- Cited by `Onward/Whole`, `log_count`.
 use Rattle.std.proofs.Common.{◌≡◌, ℕ, ◌+◌, ◌<◌, Bool, true, false, cond, List, [], ◌∷◌, ◌++◌, length, map, refl, sym, ap, ◌∙◌, Option, Some, None, inl, inr}
 use Rattle.std.proofs.Common.{arith}
 use Rattle.std.specs.Prelude.{◌&&◌, ◌||◌, not, nat_le, nat_lt, is_none, filter, ◌⊎◌}

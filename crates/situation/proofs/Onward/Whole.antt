@@ -1,5 +1,5 @@
 -- One more entry after two pasts in the same situation leaves them in the same situation.
--- Cited by `Counts`, `Futures`, `moves.rt`.
+-- Cited by `Counts`, `Futures`, `moves.rt`, `log_count`.
 use Rattle.std.proofs.Common.{◌≡◌, ℕ, true, cond, List, [], ◌∷◌, ◌++◌, length, map, refl, sym, ap, ◌∙◌, Option, Some, None, arith}
 use Rattle.std.specs.Prelude.{◌&&◌, not, nat_lt, nat_le, is_none, filter}
 use Rattle.std.specs.List.{range_with_len}

@@ -1,5 +1,6 @@
 -- A legal log of a sound script has at most as many entries as the script's bound says.
--- Cited by `Laws/Progress/Ends`, `entries.rt`, `progress.rt`, `env_check`, `env_core`, `env_threads`, `run_summary`.
+-- Cited by `Laws/Progress/Ends`, `entries.rt`, `progress.rt`, `env_check`, `env_core`, `env_threads`, `order_answer`, `run_summary`,
+-- `simulation`, `situation`.
 use Rattle.std.proofs.Common.{◌≡◌, ℕ, suc, ◌+◌, ◌≤◌, ◌<◌, Bool, true, false, cond, eqb, leb, List, [], ◌∷◌, ◌++◌}
 use Rattle.std.proofs.Common.{length, get_or, refl, sym, ap, ◌∙◌, Some, arith, ⊎_elim, length-append}
 use Rattle.std.specs.Prelude.{◌||◌, not, flat_map}

@@ -1,5 +1,5 @@
 -- Each entry of a legal history of a sound script fits its types.
--- Cited by `entries.rt`, `env_app`, `env_threads`.
+-- Cited by `entries.rt`, `env_app`, `env_threads`, `simulation`.
 use Rattle.std.proofs.Common.{◌≡◌, ℕ, ◌+◌, ◌<◌, ◌≤◌, ◌^◌, Bool, true, false, cond, eqb, leb, List, []}
 use Rattle.std.proofs.Common.{◌∷◌, length, refl, sym, subst, ◌∙◌, Option, Some, None, ⊎_elim, arith}
 use Rattle.std.specs.Prelude.{◌&&◌, ◌||◌, not, All, slice_get}

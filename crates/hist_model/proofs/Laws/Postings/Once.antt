@@ -1,5 +1,5 @@
 -- What follows for the accepted tasks, and for a task that is posted now.
--- Cited by `each_task_is_posted_once`, `Laws/LegalPast`, `postings.rt`, `env_core`, `next_entry`, `task_reply`.
+-- Cited by `each_task_is_posted_once`, `Laws/LegalPast`, `postings.rt`, `env_core`, `log_count`, `next_entry`, `situation`, `task_reply`.
 use Rattle.std.proofs.Common.{◌≡◌, ℕ, ◌<◌, Bool, true, false, eqb, List, [], ◌∷◌, ◌++◌, length, refl, sym, ap, subst, ◌∙◌, arith, length-append, append-nil}
 use Rattle.std.specs.List.{AllByRecursion}
 use Rattle.std.proofs.lemmas.Bool.{false_from_ne_true, eq-eqb, eqb-false}

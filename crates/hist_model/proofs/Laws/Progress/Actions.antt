@@ -1,5 +1,5 @@
 -- An action that does not wait may make the entry that it wants, whoever else runs.
--- Cited by `Laws/Due`, `Laws/Progress/Ways`, `env_crew`, `next_entry`.
+-- Cited by `Laws/Due`, `Laws/Progress/Ways`, `env_crew`, `env_step`.
 use Rattle.std.proofs.Common.{◌≡◌, ℕ, ◌≤◌, Bool, true, false, cond, leb, List, [], ◌∷◌, refl, ◌∙◌, Some, None, arith}
 use Rattle.std.specs.Prelude.{not}
 use Rattle.std.proofs.lemmas.Bool.{and_from, and_parts, or_left, eq-eqb, le-leb, leb-true}

@@ -1,5 +1,5 @@
 -- What a seat that is at nothing enters comes by the script, or takes work.
--- Cited by `Laws/Progress/Driver`, `Laws/Progress/Ends`, `env_explain`.
+-- Cited by `Laws/Progress/Driver`, `Laws/Progress/Ends`, `env_step`.
 use Rattle.std.proofs.Common.{◌≡◌, ℕ, true, false, cond, eqb, List, sym}
 use Rattle.std.proofs.Common.{ap, subst, ◌∙◌, Some, inl, inr, ⊎_elim, arith}
 use Rattle.std.specs.Prelude.{◌⊎◌, ◌||◌, not, nat_le}

@@ -1,6 +1,6 @@
 -- What the driver's actions have left in a legal past: each job that was started is posted, shutdown is done only where an
 -- action shut down, and a cancel or a shutdown that has begun has made its first entry.
--- Cited by `Laws/Due`, `Laws/Progress/Ways`, `next_entry`.
+-- Cited by `Laws/Due`, `Laws/Progress/Ways`, `env_step`.
 use Rattle.std.proofs.Common.{◌≡◌, ℕ, ◌+◌, Bool, true, false, cond, eqb, List, [], ◌∷◌, ◌++◌, length, refl, sym}
 use Rattle.std.proofs.Common.{ap, subst, ◌∙◌, append_assoc, Option, Some, None, inl, inr, ⊎_elim}
 use Rattle.std.specs.Prelude.{◌⊎◌, ◌||◌, is_some, slice_get, take}

@@ -1,5 +1,5 @@
 -- Every way ends whole: a legal history is within the bound, some entry may follow while it is not whole, and none once it is.
--- Cited by `progress.rt`.
+-- Cited by `progress.rt`, `simulation`.
 use Rattle.std.proofs.Common.{◌≡◌, ℕ, zero, suc, ◌+◌, ◌≤◌, Bool, true, false, cond, leb, List, [], ◌∷◌, ◌++◌, length, refl}
 use Rattle.std.proofs.Common.{sym, subst, ◌∙◌, append_assoc, append-nil, length-append, None, inl, inr, arith}
 use Rattle.std.specs.Prelude.{◌⊎◌}

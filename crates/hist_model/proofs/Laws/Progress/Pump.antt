@@ -1,5 +1,5 @@
 -- At a pump a driver that runs nothing may take the chosen front, or it finds no main task.
--- Cited by `Laws/Progress/Actions`, `env_core`.
+-- Cited by `Laws/Progress/Actions`, `env_core`, `live_core`.
 use Rattle.std.proofs.Common.{◌≡◌, ℕ, Bool, true, false, cond, eqb, List, [], length, refl, ap, ◌∙◌, Option, Some, None, arith}
 use Rattle.std.specs.Prelude.{filter, is_none, Contains}
 use Rattle.std.proofs.lemmas.Bool.{and_from, and_parts, eq-eqb, leb-true}

@@ -1,5 +1,5 @@
 -- A seat that runs a task may make its next entry, and a seat that holds an item its step.
--- Cited by `Laws/Due`, `Laws/Progress/Quiet`, `Laws/Progress/Ways`.
+-- Cited by `Laws/Due`, `Laws/Progress/Quiet`, `Laws/Progress/Ways`, `log_count`, `situation`.
 use Rattle.std.proofs.Common.{◌≡◌, ℕ, ◌≤◌, ◌<◌, Bool, true, false, cond, eqb, List, [], ◌∷◌, ◌++◌, length}
 use Rattle.std.proofs.Common.{refl, sym, ap, subst, ◌∙◌, Option, Some, None, ⊎_elim, arith}
 use Rattle.std.specs.Prelude.{not, ◌||◌, filter, slice_get, option_and_then}

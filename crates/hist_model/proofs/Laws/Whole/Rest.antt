@@ -1,5 +1,5 @@
 -- In a whole log nobody is at anything, and what was begun is done.
--- Cited by `Laws/Whole/Items`, `Laws/Whole/Losing`, `Laws/Whole/MainTasks`, `Laws/Whole/Waiting`, `seat_hand`.
+-- Cited by `Laws/Whole/Items`, `Laws/Whole/Losing`, `Laws/Whole/MainTasks`, `Laws/Whole/Waiting`, `env_step`.
 use Rattle.std.proofs.Common.{◌≡◌, ℕ, ◌≤◌, true, eqb, List, [], length}
 use Rattle.std.proofs.Common.{refl, sym, ap, ◌∙◌, Option, Some, None, arith}
 use Rattle.std.specs.Prelude.{is_none}
