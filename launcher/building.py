@@ -21,7 +21,7 @@ KEPT = 8
 # What a build takes on four processors: without a proof in seconds, with it in minutes.
 SECONDS = 120
 MINUTES = 40
-LIBRARY_MINUTES = 15
+LIBRARY_MINUTES = 20
 ARCHIVE = "libtaskenv.a"
 TARGET = "x86_64-unknown-linux-gnu"
 # What is to be done where nothing can be written.

@@ -290,7 +290,7 @@ public:
         Held(const Held&) = delete;
         ~Held() {
             lock.unlock();
-            if (seen) host.events->note(seen_by, begun, seen_at, *seen);
+            for (const Events::Event& event : seen) host.events->note(event);
             for (std::size_t seat = 0; named.any(); named.reset(seat++))
                 if (named.test(seat)) host.parkers[seat].unpark();
         }
@@ -342,15 +342,8 @@ public:
         // Notes an entry. Calls that name no seat are the driver's, which is seat 0.
         void note(std::uint32_t seat, const live_answer& entry) {
             if (host.recorder) host.recorder->note(seat, entry);
-            if (host.events) see(seat, entry);
+            if (host.events) host.events->see(seen, seat, begun, entry);
             if (entry.kind == LIVE_DID_DONE) host.end(trash);
-        }
-        // Notes an event: at once where it is the driver's or the guest's; and that of this thread's worker once the lock is free.
-        void see(std::uint32_t seat, const live_answer& event) {
-            const std::uint64_t now = host.events->now();
-            if (seat == 0 || seat == host.guest()) return host.events->note(seat, begun, now, event);
-            if (seen) host.events->note(seen_by, begun, seen_at, *seen);
-            seen = event, seen_by = seat, seen_at = now;
         }
         void make(const live_request& wanted) {
             must(wanted);
@@ -361,9 +354,7 @@ public:
         Trash trash;
         std::bitset<66> named;
         const std::uint64_t begun;        // of `events`: a time before all that comes
-        std::optional<live_answer> seen;  // what this thread's worker did, to be noted once the lock is free
-        std::uint32_t seen_by = 0;
-        std::uint64_t seen_at = 0;        // of `events`: the time after it
+        std::vector<Events::Event> seen;  // what this thread did, to be noted once the lock is free
         std::unique_lock<std::mutex> lock;
     };
 

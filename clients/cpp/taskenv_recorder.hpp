@@ -2,8 +2,17 @@
 #pragma once
 #include "taskenv_words.hpp"
 
+#include <algorithm>
+#include <atomic>
+#include <chrono>
+#include <map>
+#include <mutex>
 #include <new>
 #include <string>
+#include <thread>
+#include <tuple>
+#include <utility>
+#include <vector>
 
 namespace taskenv {
 
@@ -93,48 +102,87 @@ private:
     bool is_cut = false;
 };
 
-// Keeps what each seat saw, a list for each, with two times of each event: the first from before the lock, the second from right after the
-// event. A worker's events are noted by its own thread, when the lock is free. The driver's seat and the guest's are acted for by several
-// threads, so theirs are noted under the environment's lock, which each of these threads holds as its event comes: that is their order.
+// Keeps what each seat saw, with two times of each event: the first from before the environment's lock, the second from right after the
+// event. Each thread notes its own events into a list of its own, once that lock is free, so that no thread waits for another to note.
+// Several threads act for the driver's seat and for the guest's: an event has its number among those of its seat.
 class Events {
 public:
-    explicit Events(std::uint32_t seats) : lists(seats) {}
+    struct Event {
+        std::uint32_t seat;
+        std::uint64_t number;
+        std::uint64_t from, to;
+        live_answer what;
+    };
+    explicit Events(std::uint32_t seats) : counts(seats) {}
     // Nanoseconds since the beginning.
     std::uint64_t now() const {
         return std::uint64_t(std::chrono::duration_cast<std::chrono::nanoseconds>(std::chrono::steady_clock::now() - beginning).count());
     }
-    // Notes an event that came after the one time, and before the other.
-    void note(std::uint32_t seat, std::uint64_t from, std::uint64_t to, const live_answer& what) noexcept {
-        List& list = lists[seat];
-        if (list.is_cut) return;
+    // Puts down an event that has just come, to be noted later. The environment's lock is held.
+    void see(std::vector<Event>& seen, std::uint32_t seat, std::uint64_t from, const live_answer& what) noexcept {
+        const std::uint64_t number = counts[seat]++;
         try {
-            list.events.push_back({from, to, what});
+            seen.push_back({seat, number, from, now(), what});
         } catch (const std::bad_alloc&) {
-            list.is_cut = true;
+            ++lost, ++noted;
         }
     }
-    // What `arrange` reads. It is asked when no worker's thread notes any more. A list that was cut ends with a line that is no event.
-    std::string text() const {
-        std::string all;
-        for (std::uint32_t seat = 0; seat < lists.size(); ++seat) {
-            for (const Event& event : lists[seat].events)
-                all += "[" + words(event.from, event.to) + "] " + words(seat, words_of(event.what)) + "\n";
-            if (lists[seat].is_cut) all += words("seat", seat, "had no memory for more") + "\n";
+    // Notes an event into this thread's list. The lock is free.
+    void note(const Event& event) noexcept {
+        try {
+            List& list = own_list();
+            const std::lock_guard<std::mutex> own(list.lock);  // held by this thread alone, but where all lists are read
+            list.events.push_back(event);
+        } catch (const std::bad_alloc&) {
+            ++lost;
         }
-        return all;
+        ++noted;
+    }
+    // What `arrange` reads, the events of each seat in their order. The environment's lock is held, so nothing new comes meanwhile; threads
+    // that have yet to note what they did are waited for. Where there was no memory for an event, the last line is no event.
+    std::string text() {
+        std::uint64_t all = 0;
+        for (const std::uint64_t count : counts) all += count;
+        while (noted < all) std::this_thread::yield();
+        std::vector<Event> events;
+        const std::lock_guard<std::mutex> hold(lock);
+        for (auto& [thread, list] : lists) {
+            const std::lock_guard<std::mutex> own(list.lock);
+            events.insert(events.end(), list.events.begin(), list.events.end());
+        }
+        std::sort(events.begin(), events.end(),
+                  [](const Event& a, const Event& b) { return std::tie(a.seat, a.number) < std::tie(b.seat, b.number); });
+        std::string text;
+        for (const Event& event : events)
+            text += "[" + words(event.from, event.to) + "] " + words(event.seat, words_of(event.what)) + "\n";
+        return lost > 0 ? text + words("no memory for", std::uint64_t(lost), "events") + "\n" : text;
     }
 
 private:
-    struct Event {
-        std::uint64_t from, to;
-        live_answer what;
-    };
     struct alignas(64) List {
+        std::mutex lock;
         std::vector<Event> events;
-        bool is_cut = false;
     };
+    // The list of this thread, which is looked up where the thread has last noted for another environment.
+    List& own_list() {
+        thread_local std::pair<std::uint64_t, List*> last{0, nullptr};
+        if (last.first != serial) {
+            const std::lock_guard<std::mutex> hold(lock);
+            last = {serial, &lists[std::this_thread::get_id()]};
+        }
+        return *last.second;
+    }
+    static std::uint64_t next_serial() {
+        static std::atomic<std::uint64_t> made{0};
+        return ++made;
+    }
     const std::chrono::steady_clock::time_point beginning = std::chrono::steady_clock::now();
-    std::vector<List> lists;
+    const std::uint64_t serial = next_serial();
+    std::vector<std::uint64_t> counts;  // the events of each seat so far
+    std::atomic<std::uint64_t> noted{0};
+    std::atomic<std::uint64_t> lost{0};
+    std::mutex lock;  // of which lists there are
+    std::map<std::thread::id, List> lists;
 };
 
 }  // namespace detail
