@@ -1,0 +1,5 @@
+pub mod Best
+pub mod ByLine
+pub mod Counting
+pub mod Places
+pub mod SameLists

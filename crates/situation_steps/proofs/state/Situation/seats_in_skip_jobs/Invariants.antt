@@ -1,0 +1,13 @@
+use Rattle.std.proofs.Common.{◌≡◌, ◌≤◌}
+use Rattle.std.specs.List.{range_with_len}
+use Rattle.list_laws.specs.Lists.{count, holds_of}
+use Rattle.task_model.specs.Blockers.{is_skip}
+use Rattle.task_model.specs.Refusal.{behaviour_of_job}
+use Rattle.log_count.specs.Parts.{job_in}
+use Rattle.situation_steps.proofs.state.Situation.seats_in_skip_jobs.Given as goal
+
+abbrev pub invariant-loop-seat : goal.invariant-loop-seat
+invariant-loop-seat l = record {
+  so_far : l.count ≡ count (λ seat. holds_of (λ j. is_skip (behaviour_of_job l.script j)) (job_in l.self seat)) (range_with_len 0 l.seat);
+  few : l.count ≤ l.seat;
+}
