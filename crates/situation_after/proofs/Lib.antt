@@ -1,0 +1,5 @@
+pub mod Actions
+pub mod Begins
+pub mod Comes
+pub mod Counted
+pub mod Places

@@ -1,0 +1,4 @@
+pub mod Actions
+pub mod Begins
+pub mod ComesNext
+pub mod Counted
