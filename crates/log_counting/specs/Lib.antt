@@ -1,0 +1,4 @@
+pub mod Clocks
+pub mod Answers
+pub mod Keys
+pub mod Walks
